@@ -17,7 +17,7 @@ use Rattle.htn_calls.specs.Calls as model
 use Rattle.htn_calls.specs.Numbered.{rule_of}
 use Rattle.htn_calls.specs.Series.{opened, opened_series}
 use Rattle.htn_calls.specs.Ordered.{ordered, lone}
-use Rattle.htn_net.specs.Listed.{listing_machine}
+use Rattle.htn_walk.specs.Listed.{listing_machine}
 use Rattle.call_rules.specs.Bounds.{IsKept}
 use Rattle.call_rules.specs.Listing.{listed_step}
 use Rattle.call_rules.specs.Lone.{led_by, node_rules}

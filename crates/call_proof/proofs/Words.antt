@@ -22,7 +22,7 @@ use Rattle.htn_calls.specs.Calls as model
 use Rattle.htn_calls.specs.Series.{opened}
 use Rattle.htn_calls.proofs.Numbered.{in_mapped}
 use Rattle.htn_calls.specs.Ordered.{ordered}
-use Rattle.htn_net.specs.Listed.{listing_machine}
+use Rattle.htn_walk.specs.Listed.{listing_machine}
 use Rattle.call_rules.specs.Frame.{Frame}
 use Rattle.call_rules.specs.Local.{are_literals_in, IsFrameOf}
 use Rattle.state_table.specs.Table.{state_of}

@@ -8,7 +8,7 @@ ghost use Rattle.htn_model.specs.Grounding.{problem_of};
 ghost use Rattle.htn_model.specs.Instances.{initials};
 ghost use Rattle.htn_model.specs.Literal.{holds};
 ghost use Rattle.htn_model.specs.Task as tasks;
-ghost use Rattle.htn_net.specs.Listed.{listing_machine};
+ghost use Rattle.htn_walk.specs.Listed.{listing_machine};
 ghost use Rattle.state_table.specs.Table.{state_of};
 ghost use Rattle.word_machine.specs.Answer.{IsLeastFinishing};
 ghost use Rattle.word_machine.specs.Words.{step_count};

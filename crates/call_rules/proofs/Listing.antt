@@ -15,8 +15,8 @@ use Rattle.htn_calls.specs.Series.{opened_series, StepsInFront, RulesLift}
 use Rattle.htn_calls.specs.Bounds.{CheckedTablesHold}
 use Rattle.htn_calls.proofs.Words.{steps_in_front}
 use Rattle.htn_calls.proofs.Bounds.{all_in_series, all_rules_lift, checked_tables_hold}
-use Rattle.htn_net.specs.Listed.{listed_methods, listed_for, number_by, choose_listed}
-use Rattle.htn_net.proofs.Listed.{free_listed, at_task, instance_listed}
+use Rattle.htn_walk.specs.Listed.{listed_methods, listed_for, number_by, choose_listed}
+use Rattle.htn_walk.proofs.Listed.{free_listed, at_task, instance_listed}
 use Rattle.call_rules.specs.Listing.{listed_step, listed_problem, StepsAsProblem}
 
 -- steps and actions are carried out alike

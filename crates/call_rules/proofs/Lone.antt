@@ -22,8 +22,8 @@ use Rattle.htn_calls.proofs.Blocks.{one_block, series_join}
 use Rattle.htn_calls.proofs.Cuts.{cuts_split}
 use Rattle.htn_calls.specs.Ordered.{ordered, lone}
 use Rattle.htn_calls.proofs.Ordered.{ordered_split, lone_replaced}
-use Rattle.htn_net.specs.Listed.{listed_methods}
-use Rattle.htn_net.proofs.Listed.{listed_instances}
+use Rattle.htn_walk.specs.Listed.{listed_methods}
+use Rattle.htn_walk.proofs.Listed.{listed_instances}
 use Rattle.call_rules.specs.Listing.{listed_step, listed_problem}
 use Rattle.call_rules.specs.Lone.{is_total, are_total, rule_into, rules_after, node_rules, the_only, lone_rules, LoneAreNodes, led_by, RulesAreRanked, NodesAreOrdered}
 use Rattle.call_rules.proofs.Listing.{same_perform, listed_network, listed_steps, listed_in_front}

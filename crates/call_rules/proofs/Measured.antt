@@ -13,9 +13,9 @@ use Rattle.word_machine.specs.Machine.{IsStep}
 use Rattle.heuristics.proofs.SizesBounds.{step_of_choice}
 use Rattle.heuristics.specs.Measure.{IsLowerMeasure, estimate, is_as_at_first, lower_bound}
 use Rattle.heuristics.proofs.SizesBounded.{states_last, measures_are_bounds}
-use Rattle.htn_net.specs.Machine.{is_dead_choice}
-use Rattle.htn_net.specs.Listed.{listing_machine, number_of}
-use Rattle.htn_net.proofs.Listed.{enough}
+use Rattle.htn_walk.specs.Machine.{is_dead_choice}
+use Rattle.htn_walk.specs.Listed.{listing_machine, number_of}
+use Rattle.htn_walk.proofs.Listed.{enough}
 use Rattle.call_rules.specs.Bounds.{IsKept, IsStepSize}
 use Rattle.call_rules.specs.Measures.{MeasuresAreSizes}
 

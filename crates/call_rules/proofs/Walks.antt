@@ -14,8 +14,8 @@ use Rattle.htn_ground.specs.Distinct.{distinct, live_methods}
 use Rattle.htn_calls.specs.Calls.{Rule}
 use Rattle.htn_calls.specs.Series.{opened, opened_series}
 use Rattle.htn_calls.specs.Ordered.{ordered, lone}
-use Rattle.htn_net.specs.Listed.{listed_initials, listing_machine}
-use Rattle.htn_net.proofs.Listed.{distinct_initials}
+use Rattle.htn_walk.specs.Listed.{listed_initials, listing_machine}
+use Rattle.htn_walk.proofs.Listed.{distinct_initials}
 use Rattle.call_rules.specs.Listing.{listed_step}
 use Rattle.call_rules.specs.Lone.{are_total, rule_into, rules_after, node_rules, led_by}
 use Rattle.call_rules.specs.Walks.{TotalAreOrdered, StartsAreRanked, OrderedStep}

@@ -25,7 +25,7 @@ use Rattle.htn_calls.proofs.Closed.{closed_checked}
 use Rattle.htn_calls.proofs.Cuts.{cuts_split}
 use Rattle.htn_calls.specs.Ordered.{ordered}
 use Rattle.htn_calls.proofs.Ordered.{ordered_split}
-use Rattle.htn_net.specs.Listed.{listing_machine}
+use Rattle.htn_walk.specs.Listed.{listing_machine}
 use Rattle.call_rules.specs.Listing.{listed_step, listed_problem}
 use Rattle.call_rules.specs.Lone.{lone_rules}
 use Rattle.call_rules.specs.Bounds.{ByState, ByBlocks, step_within, IsKept, IsStepSize, size_sum, IsSound, estimate_by, bound_by, SizesAreBounds, ClosedAreChecked, TablesClaim, BoundsAreBelow, BoundsOfOrdered}

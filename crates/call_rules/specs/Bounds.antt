@@ -16,7 +16,7 @@ use Rattle.htn_calls.specs.Series.{series_of, opened, opened_series}
 use Rattle.htn_calls.specs.Split.{network_of}
 use Rattle.htn_calls.specs.Bounds.{is_goal}
 use Rattle.htn_calls.specs.Ordered.{ordered, lone}
-use Rattle.htn_net.specs.Listed.{listing_machine}
+use Rattle.htn_walk.specs.Listed.{listing_machine}
 use Rattle.call_rules.specs.Listing.{listed_step}
 use Rattle.call_rules.specs.Lone.{lone_rules}
 

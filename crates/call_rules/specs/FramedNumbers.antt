@@ -13,7 +13,7 @@ use Rattle.htn_calls.specs.Numbered.{rule_of}
 use Rattle.htn_calls.specs.Series.{opened}
 use Rattle.htn_calls.specs.Bounds.{is_goal}
 use Rattle.htn_calls.specs.Ordered.{ordered, lone}
-use Rattle.htn_net.specs.Listed.{listing_machine}
+use Rattle.htn_walk.specs.Listed.{listing_machine}
 use Rattle.call_rules.specs.Frame.{Frame}
 use Rattle.call_rules.specs.Local.{are_literals_in, IsFrameOf}
 use Rattle.call_rules.specs.Framed.{IsPart, framed, AreFramedSites}

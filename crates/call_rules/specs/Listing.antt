@@ -5,7 +5,7 @@ use Rattle.htn_model.specs.Levels.{Stepping}
 use Rattle.htn_model.specs.Machine.{Config, step_by}
 use Rattle.htn_model.specs.Problem.{Problem}
 use Rattle.htn_model.specs.Task.{Task}
-use Rattle.htn_net.specs.Listed.{listed_methods, listed_initials, listing_machine}
+use Rattle.htn_walk.specs.Listed.{listed_methods, listed_initials, listing_machine}
 
 -- the steps of the listing machine
 abbrev pub listed_step : Task → Stepping

@@ -8,7 +8,7 @@ use Rattle.htn_model.specs.Task.{Task}
 use Rattle.htn_ground.specs.Distinct.{distinct, live_methods}
 use Rattle.htn_calls.specs.Series.{opened}
 use Rattle.htn_calls.specs.Ordered.{ordered}
-use Rattle.htn_net.specs.Listed.{listing_machine}
+use Rattle.htn_walk.specs.Listed.{listing_machine}
 use Rattle.call_rules.specs.Listing.{listed_step}
 use Rattle.call_rules.specs.Lone.{is_total, are_total}
 

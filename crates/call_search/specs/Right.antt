@@ -4,7 +4,7 @@ use Rattle.std.specs.declared.alloc.Global.{Global}
 use Rattle.std.specs.declared.vec.Vec.{Vec}
 use Rattle.htn_model.specs.Grounding.{problem_of}
 use Rattle.htn_model.specs.Task.{Task}
-use Rattle.htn_net.specs.Listed.{listing_machine}
+use Rattle.htn_walk.specs.Listed.{listing_machine}
 use Rattle.word_machine.specs.Answer.{IsLeastFinishing}
 use Rattle.heuristics.specs.Measure.{IsLowerMeasure}
 use Rattle.heuristics.specs.Sizes.{size_of}

@@ -3,7 +3,7 @@ ghost use Rattle.std.specs.Prelude.{◌≡◌, IfSome, None, OnOk};
 ghost use Rattle.call_nodes.specs.Nodes.{AreNodes};
 ghost use Rattle.call_search.specs.Right.{IsRight};
 ghost use Rattle.htn_model.specs.Grounding.{problem_of};
-ghost use Rattle.htn_net.specs.Listed.{listing_machine};
+ghost use Rattle.htn_walk.specs.Listed.{listing_machine};
 ghost use Rattle.heuristics.specs.Measure.{IsLowerMeasure};
 ghost use Rattle.heuristics.specs.Sizes.{size_of};
 ghost use Rattle.word_machine.specs.Answer.{IsLeastFinishing};

@@ -1,7 +1,7 @@
 //! A search by calls, in parts.
 ghost use Rattle.std.specs.Prelude.{◌≡◌, IfOk, IfSome, OnOk};
 ghost use Rattle.call_nodes.specs.Nodes.{AreNodes};
-ghost use Rattle.htn_net.specs.Listed.{listing_machine};
+ghost use Rattle.htn_walk.specs.Listed.{listing_machine};
 ghost use Rattle.htn_model.specs.Grounding.{problem_of};
 ghost use Rattle.heuristics.specs.Measure.{IsLowerMeasure};
 ghost use Rattle.heuristics.specs.Sizes.{size_of};

@@ -1,7 +1,7 @@
 //! The watch of a search that looks for a word by calls beside it.
 ghost use Rattle.std.specs.Prelude.{◌≡◌, ◌≢◌, ℕ, IfErr, IfOk, false, true};
 ghost use Rattle.call_search.specs.Right.{IsRight};
-ghost use Rattle.htn_net.specs.Listed.{listing_machine};
+ghost use Rattle.htn_walk.specs.Listed.{listing_machine};
 ghost use Rattle.word_machine.specs.Answer.{IsEnding};
 ghost use Rattle.word_machine.specs.declared.found.Ending.TheVariants.{GivenUp, Stopped};
 ghost use Rattle.word_machine.specs.declared.found.SearchFault.TheVariants.{NoThread};

@@ -1,15 +1,5 @@
-pub mod Words
-pub mod Lawful
-pub mod Answers
-pub mod Fewer
-pub mod Chosen
-pub mod Distinct
-pub mod First
-pub mod Listed
-pub mod Numbers
 pub mod Offered
-pub mod Once
-pub mod OnceInstances
 pub mod Performed
 pub mod Spliced
-pub mod Whole
+pub mod Finishing
+pub mod Numbered

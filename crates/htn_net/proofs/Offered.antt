@@ -12,11 +12,11 @@ use Rattle.htn_model.specs.Machine.{Config, choose}
 use Rattle.htn_model.specs.Problem.{GroundTask, is_before, task}
 use Rattle.htn_model.specs.Task.{Task}
 use Rattle.htn_net.specs.Choices.{IsChoice, decomposed_choices}
-use Rattle.htn_net.specs.declared.choice.Change.TheVariants as chosen
+use Rattle.htn_walk.specs.declared.change.Change.TheVariants as chosen
 use Rattle.htn_net.specs.declared.choice.Choice.{Choice}
-use Rattle.htn_net.specs.Live.{live_methods}
+use Rattle.htn_walk.specs.Live.{live_methods}
 use Rattle.std.proofs.lemmas.List.Elements.{All-map}
-use Rattle.htn_net.proofs.Numbers.{all_kept, choose_instance}
+use Rattle.htn_walk.proofs.Numbers.{all_kept, choose_instance}
 
 -- what stands among numbered elements stands in the list at its number
 pub numbered_at : {X : Type 0} (q : ℕ × X → Bool) (a : ℕ) (xs : List X) (k : ℕ) (p : ℕ × X) → slice_get (filter q (enumerate_from a xs)) k ≡ Some p

@@ -1,9 +1,2 @@
-pub mod Machine
-pub mod Answered
-pub mod Fewer
 pub mod Choices
-pub mod Grounded
 pub mod Hashes
-pub mod Laws
-pub mod Listed
-pub mod Live

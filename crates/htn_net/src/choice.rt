@@ -1,20 +1,11 @@
 //! What a number of a configuration stands for.
 
 ghost use Rattle.std.specs.Prelude.{◌≡◌};
-ghost use Rattle.htn_net.specs.declared.choice.Change.TheVariants.{Performed};
+ghost use Rattle.htn_walk.specs.declared.change.Change.TheVariants.{Performed};
 
-use htn_ground::Instance;
 use htn_task::State;
+use htn_walk::Change;
 use std::sync::Arc;
-
-/// The change that a step makes at the node that its number chooses.
-#[derive(Drop)]
-pub enum Change {
-    /// A compound task is decomposed: the nodes of this instance take its place.
-    Decomposed(Instance),
-    /// A precondition step or an action is carried out: it leaves the network, and this is the state afterwards.
-    Performed(Arc<State>),
-}
 
 /// The choice of a number in a configuration: the open node that it chooses, and the change that the step makes there.
 #[derive(Drop)]

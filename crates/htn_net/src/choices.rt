@@ -7,13 +7,14 @@ ghost use Rattle.htn_model.specs.Grounding.{problem_of};
 ghost use Rattle.htn_model.specs.Machine as machine;
 ghost use Rattle.htn_model.specs.Problem.{is_before};
 ghost use Rattle.htn_net.specs.Choices.{IsChoice, choice_of, decomposed_choices};
-ghost use Rattle.htn_net.specs.Live.{live_numbers, numbers};
+ghost use Rattle.htn_walk.specs.Live.{live_numbers, numbers};
 
-use crate::choice::{Change, Choice};
+use crate::choice::Choice;
 use crate::config::Config;
 use crate::perform::performances;
 use htn_ground::{Instance, live_methods_of, methods_of};
 use htn_task::Task;
+use htn_walk::Change;
 use std::alloc::{AllocError, Global};
 
 /// Each instance with its number.

@@ -10,7 +10,7 @@ ghost use Rattle.htn_model.specs.Problem as problem;
 ghost use Rattle.htn_model.specs.Problem.{is_before};
 ghost use Rattle.htn_ground.specs.Views.{child_view};
 ghost use Rattle.htn_net.specs.Choices.{IsPerformance};
-ghost use Rattle.htn_net.specs.Live.{live_numbers, numbers};
+ghost use Rattle.htn_walk.specs.Live.{live_numbers, numbers};
 
 use crate::choice::Performance;
 use crate::config::Config;

@@ -5,14 +5,16 @@ ghost use Rattle.htn_model.specs.Choice.{first_free_compound};
 ghost use Rattle.htn_model.specs.Grounding.{problem_of};
 ghost use Rattle.htn_model.specs.Machine as machine;
 ghost use Rattle.htn_model.specs.Problem.{is_before};
-ghost use Rattle.htn_net.specs.Choices.{IsChoice, IsNumberOf, chosen_of};
-ghost use Rattle.htn_net.specs.Listed.{choose_listed, number_at};
+ghost use Rattle.htn_walk.specs.Choices.{IsNumberOf, chosen_of};
+ghost use Rattle.htn_net.specs.Choices.{IsChoice};
+ghost use Rattle.htn_walk.specs.Listed.{choose_listed, number_at};
 
-use crate::choice::{Change, Choice};
+use crate::choice::Choice;
 use crate::config::Config;
 use crate::perform::perform;
 use htn_ground::{distinct_live_methods_of, instance_at};
 use htn_task::Task;
+use htn_walk::Change;
 use std::alloc::{AllocError, Global};
 
 /// What a number chooses where no compound task is free: the position of an open node, and what the step does with

@@ -1,17 +1,21 @@
--- A plan, none and unsolvable exclude one another.
-use Rattle.std.proofs.Common.{◌≡◌, ℕ, Some, None, refl, ap, ◌∙◌, subst, arith}
+-- A plan, none and unsolvable exclude one another; and below what no word reaches there is no solution.
+use Rattle.std.proofs.Common.{◌≡◌, ℕ, zero, suc, ◌+◌, ◌<◌, Some, None, refl, ap, ◌∙◌, subst, arith}
 use Rattle.std.proofs.lemmas.Option.{same_Some}
 use Rattle.htn_model.specs.Problem.{Problem, IsGrounded}
 use Rattle.htn_model.specs.Grounding.{problem_of}
 use Rattle.htn_model.specs.Task.{Task}
 use Rattle.htn_model.specs.Tree as tree
 use Rattle.htn_model.specs.Answer.{IsAnswer}
+use Rattle.htn_model.specs.Tree.{total_size}
 use Rattle.htn_model.specs.Exhaustion.{IsMet, IsUnsolvable}
 use Rattle.htn_model.proofs.Answers.{least_word_answers}
 use Rattle.htn_ground.specs.declared.node.Solution.{Solution}
 use Rattle.htn_ground.specs.Trees.{solution_of}
 use Rattle.htn_search.specs.declared.answer.Answer.TheVariants.{Plan, None as NoPlan, Unsolvable}
-use Rattle.htn_search.specs.Answer.{Answers}
+use Rattle.htn_search.specs.Answer.{Answers, HasNoneBelow}
+use Rattle.htn_walk.specs.Listed.{listing_machine}
+use Rattle.htn_walk.proofs.Told.{none_within}
+use Rattle.word_machine.specs.Answer.{NoneFinishesBefore}
 
 module _ (t : Task) (bound : ℕ) where
   -- the problem of the task
@@ -45,3 +49,12 @@ module _ (t : Task) (bound : ℕ) where
     none = (λ e. absurd cc, λ other. absurd (not_met other.1));
     unsolvable = (λ e. (never, not_met), λ other. refl);
   }
+
+module _ (t : Task) (grounded : IsGrounded (problem_of t)) where
+  -- where no word of ranks finishes in fewer steps, no solution has fewer nodes
+  pub none_below : (nodes : ℕ) → NoneFinishesBefore (listing_machine t) nodes → HasNoneBelow t nodes
+  none_below zero none s solves = omega arith
+  none_below (suc nodes) none s solves =
+      let same : suc nodes ≡ nodes + 1 = omega arith in
+      let over : nodes < total_size s.trees = none_within t grounded nodes (subst (NoneFinishesBefore (listing_machine t)) same none) s solves in
+      omega arith

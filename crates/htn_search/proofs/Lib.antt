@@ -1,13 +1,2 @@
 pub mod Answering
-pub mod ChildPlaces
-pub mod Closing
-pub mod Finishing
-pub mod Free
-pub mod Moves
-pub mod Numbered
-pub mod Reversed
 pub mod Shared
-pub mod Solved
-pub mod Stepped
-pub mod Told
-pub mod Way

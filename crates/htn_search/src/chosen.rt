@@ -1,14 +1,13 @@
 //! The choice of a rank, by the tables of a search.
 ghost use Rattle.std.specs.Prelude.{◌≡◌, ℕ, IfOk, IsSome, Some, slice_get};
 ghost use Rattle.htn_ground.specs.Distinct.{distinct, live_methods};
-ghost use Rattle.htn_net.specs.Choices.{IsChosen};
-ghost use Rattle.htn_net.specs.Listed.{choose_listed, number_at};
+ghost use Rattle.htn_walk.specs.Choices.{IsChosen};
+ghost use Rattle.htn_walk.specs.Listed.{choose_listed, number_at};
 ghost use Rattle.task_machine.specs.Tables.{AreTables};
 
-use crate::front::Front;
 use htn_ground::{GroundTask, Instance, distinct_live_methods_of};
-use htn_net::Change;
 use htn_task::Task;
+use htn_walk::{Change, Front};
 use std::alloc::{AllocError, Global};
 use task_machine::Tables;
 

@@ -3,15 +3,11 @@
 
 mod answer;
 mod chosen;
-mod front;
-mod numbers;
-mod places;
 mod solution;
 mod solve;
-mod trail;
 mod walk;
 
 pub use answer::{Answer, Known};
-pub use solution::rebuild;
-pub use solve::{find_word, finishes, search, search_watched, search_with_tables};
+pub use htn_net::{finishes, rebuild};
+pub use solve::{find_word, search, search_watched, search_with_tables};
 pub use word_machine::{Bounds, Found, Gate, News, NoGate, NoWatch, SearchFault, Watch};

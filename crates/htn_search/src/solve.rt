@@ -1,10 +1,9 @@
 //! The search of a task.
-ghost use Rattle.std.specs.Prelude.{◌≡◌, ℕ, ◌-◌, ◌^◌, ◌<◌, ◌↔◌, IfErr, IfNone, IfOk, IfSome, IsTrue, Option, false, true};
+ghost use Rattle.std.specs.Prelude.{◌≡◌, ℕ, ◌-◌, ◌^◌, ◌<◌, IfErr, IfNone, IfOk, IfSome, Option, false, true};
 ghost use Rattle.call_search.specs.Right.{IsRight};
-ghost use Rattle.htn_net.specs.Answered.{IsAnswered, IsExact};
+ghost use Rattle.htn_walk.specs.Answered.{IsAnswered, IsExact};
 ghost use Rattle.htn_model.specs.Grounding.{problem_of};
-ghost use Rattle.htn_model.specs.Machine.{Finishes};
-ghost use Rattle.htn_net.specs.Listed.{listing_machine};
+ghost use Rattle.htn_walk.specs.Listed.{listing_machine};
 ghost use Rattle.htn_search.specs.Answer.{Answers, HasNoneBelow, IsKnown};
 ghost use Rattle.htn_search.specs.declared.answer.Known.TheVariants.{Unknown};
 ghost use Rattle.task_machine.specs.Tables.{AreTables};
@@ -13,17 +12,15 @@ ghost use Rattle.word_machine.specs.declared.found.Ending.TheVariants.{GivenUp, 
 ghost use Rattle.word_machine.specs.declared.found.SearchFault.TheVariants.{NoThread};
 
 use crate::answer::{Answer, Known};
-use crate::numbers::word_of_ranks;
 use crate::solution::rebuild_listed;
 use call_search::{CallWatch, Calls};
-use htn_ground::{goal_literals, initial_at};
-use htn_net::Config;
+use heuristics::enumerate;
+use htn_net::word_of_ranks;
 use htn_task::Task;
 use std::alloc::{AllocError, Global};
 use std::sync::Wait;
 use std::thread::Threads;
 use task_machine::{Tables, TaskMachine};
-use heuristics::enumerate;
 use word_machine::{
     Bounds, Effort, Ending, Found, Gate, Machine, NoWatch, SearchFault, Watch, find_word_watched,
 };
@@ -419,29 +416,4 @@ pub fn search<G: Gate, R: Threads + Wait + Sync>(
 {
     let (answer, _tables) = search_with_tables(rt, alloc, task, bounds, gate)?;
     Ok(answer)
-}
-
-/// Whether a word finishes: the numbers lead from an initial network to no open nodes with the goal
-/// true. An error means that memory was refused, or that a number chooses an instance of a method past
-/// the 65,536th, as none of a checked text is.
-pub fn finishes(alloc: Global, task: &Task, word: &[u64]) -> Result<bool, AllocError>
-    ensures { IfOk result (λ finishes. IsTrue finishes ↔ Finishes (problem_of task.now) word.now) }
-{
-    let _typed = task.objects();
-    let Some((initial, numbers)) = word.split_first() else {
-        return Ok(false);
-    };
-    let Some(instance) = initial_at(alloc, task, *initial)? else {
-        return Ok(false);
-    };
-    let mut config = Config::start(alloc, task, &instance)?;
-    for number in numbers {
-        let Some((position, change)) = config.choose(alloc, task, *number)? else {
-            return Ok(false);
-        };
-        let next = config.after(alloc, task, position, &change)?;
-        config = next;
-    }
-    let goal = goal_literals(alloc, task)?;
-    Ok(config.is_done(&goal))
 }

@@ -1,205 +1,37 @@
-//! A walk along a finishing word.
-ghost use Rattle.std.specs.Prelude.{◌≡◌, ◌<◌, ◌++◌, ◌∷◌, [], ℕ, Contains, IfOk, IsSome, OnOk, Some, false, true, get_or, length, slice_get};
-ghost use Rattle.htn_ground.specs.Views.{child_view};
-ghost use Rattle.htn_model.specs.Choice.{splice};
+//! A walk along a word of ranks that a search found.
+ghost use Rattle.std.specs.Prelude.{◌≡◌, ◌<◌, ◌∷◌, ℕ, Contains, IfOk, IsSome, Some, length, slice_get};
 ghost use Rattle.htn_model.specs.Grounding.{problem_of};
 ghost use Rattle.htn_model.specs.Instances.{initials};
-ghost use Rattle.htn_model.specs.Machine.{choose, start, FinishesFrom};
-ghost use Rattle.htn_model.specs.Problem.{is_compound};
-ghost use Rattle.htn_net.specs.Choices.{IsChosen, network_of};
-ghost use Rattle.htn_net.specs.Listed.{choose_listed, number_of};
-ghost use Rattle.htn_search.specs.Places.{child_places, open_places, own_place, places_view};
-ghost use Rattle.htn_search.specs.Rebuilt.{IsSolutionOf};
-ghost use Rattle.htn_ground.specs.Trees.{Numbering, node_of};
-ghost use Rattle.htn_search.specs.Trail.{AreWithin, bare, decomposed_by, number_by};
-ghost use Rattle.htn_search.specs.Told.{FinishesListed, told};
-ghost use Rattle.htn_search.specs.Walk.{IsOneOn, IsStart, recorded};
+ghost use Rattle.htn_model.specs.Machine.{start};
+ghost use Rattle.htn_walk.specs.Listed.{choose_listed, number_of};
+ghost use Rattle.htn_walk.specs.Rebuilt.{IsSolutionOf};
+ghost use Rattle.htn_walk.specs.Trail.{AreWithin};
+ghost use Rattle.htn_walk.specs.Told.{FinishesListed, told};
+ghost use Rattle.htn_walk.specs.Walk.{IsOneOn, recorded};
 ghost use Rattle.task_machine.specs.Tables.{AreTables};
 
 use crate::chosen::choose_by_rank;
-use crate::front::Front;
-use crate::places::{child_places, open_children, take_place};
-use crate::trail::Move;
-use htn_ground::{Child, Instance, Node};
-use htn_net::{Change, Config};
+use htn_ground::Instance;
 use htn_task::Task;
+use htn_walk::{Walk, start_walk};
 use std::alloc::{AllocError, Global};
 use task_machine::Tables;
 
-/// A walk along a word: its current configuration, and the choices so far.
-#[derive(Drop)]
-pub(crate) struct Walk {
-    config: Front,
-    /// The places of the open nodes, from the last to the first.
-    places: Vec<Vec<usize>>,
-    /// The move of each number.
-    pub(crate) trail: Vec<Move>,
-    /// The places of the actions and steps that were carried out, in their order.
-    pub(crate) visits: Vec<Vec<usize>>,
-}
-
-/// The number of nodes that replace the chosen one.
-fn children_len(change: &Change) -> usize
-    ensures { result ≡ length (network_of change.now).children }
-{
-    match change {
-        Change::Decomposed(instance) => instance.children().len(),
-        Change::Performed(_) => 0,
-    }
-}
-
-/// Adds the places of a compound node's children, or appends the place of an action or a step to those that were
-/// carried out.
-fn leave(
-    alloc: Global,
-    places: &mut Vec<Vec<usize>>,
-    visits: &mut Vec<Vec<usize>>,
-    node: &Child,
-    position: usize,
-    count: usize,
-) -> Result<(), AllocError>
-    requires within { position < length places.old.items }
-    requires childless { is_compound (child_view node.now) ≡ false → count ≡ 0 }
-    ensures places { OnOk result (open_places places.new.items
-        ≡ splice position (child_places (get_or (open_places places.old.items) position []) 0 count) (open_places places.old.items)) }
-    ensures visits { OnOk result (places_view visits.new.items
-        ≡ places_view visits.old.items ++ own_place (child_view node.now) (get_or (open_places places.old.items) position [])) }
-{
-    match node {
-        Child::Task(_) => open_children(alloc, places, position, count),
-        Child::Action(_) | Child::Precondition(_) => {
-            visits.push(take_place(places, position))?;
-            Ok(())
-        }
-    }
-}
-
-/// A node that is closed by a change, without children.
-fn closed(alloc: Global, node: Child, change: Change) -> Node
-    requires { is_compound (child_view node) ≡ true → IsSome (decomposed_by change) }
-    ensures { (numbers : Numbering) → node_of numbers result ≡ bare (child_view node) (number_by numbers (child_view node) (decomposed_by change)) }
-{
-    match node {
-        Child::Precondition(literals) => Node::Step(literals),
-        Child::Action(task) => Node::Leaf(task),
-        Child::Task(task) => match change {
-            Change::Decomposed(instance) => Node::Compound(task, instance, Vec::new(alloc)),
-            Change::Performed(_) => unreachable!(),
-        },
-    }
-}
-
-impl Walk {
-    /// The walk after one choice: a change of the open node at a position.
-    fn take(
-        self,
-        alloc: Global,
-        task: &Task,
-        position: usize,
-        change: Change,
-    ) -> Result<Walk, AllocError>
-        requires chosen { (number : ℕ) × IsChosen task.now self.config number (position, change) }
-        requires placed { length self.places.items ≡ length self.config.open_nodes }
-        ensures { IfOk result (λ next. (number : ℕ) → IsChosen task.now self.config number (position, change)
-            → IsOneOn task.now number self next) }
-    {
-        let _typed = task.objects();
-        let Walk {
-            config,
-            mut places,
-            mut trail,
-            mut visits,
-        } = self;
-        let children = children_len(&change);
-        let (node, config) = config.after(alloc, task, position, &change)?;
-        leave(alloc, &mut places, &mut visits, &node, position, children)?;
-        trail.push(Move {
-            position,
-            node: closed(alloc, node, change),
-            children,
-        })?;
-        Ok(Walk {
-            config,
-            places,
-            trail,
-            visits,
-        })
-    }
-
-    /// The walk after one rank, whose instance is taken from the tables if they have it.
-    fn follow_listed(
-        self,
-        alloc: Global,
-        task: &Task,
-        tables: &Tables,
-        rank: u64,
-    ) -> Result<Walk, AllocError>
-        requires own { AreTables task.now tables.now }
-        requires chosen { IsSome (choose_listed task.now self.config rank) }
-        requires placed { length self.places.items ≡ length self.config.open_nodes }
-        ensures { IfOk result (IsOneOn task.now (number_of task.now self.config rank) self) }
-    {
-        let (position, change) = choose_by_rank(alloc, task, tables, &self.config, rank)?;
-        self.take(alloc, task, position, change)
-    }
-}
-
-/// The walk after one number, whose choice is computed at the current configuration.
-fn follow(
+/// The walk after one rank, whose instance is taken from the tables if they have it.
+fn follow_listed(
     alloc: Global,
     task: &Task,
+    tables: &Tables,
     walk: Walk,
-    config: &Config,
-    number: u64,
-) -> Result<(Walk, Config), AllocError>
-    requires same { config.now ≡ walk.config }
-    requires chosen { IsSome (choose (problem_of task.now) walk.config number) }
-    requires placed { length walk.places.items ≡ length walk.config.open_nodes }
-    ensures one { IfOk result (λ r. IsOneOn task.now number walk r.0) }
-    ensures same { IfOk result (λ r. r.1 ≡ r.0.config) }
-{
-    let Some((position, change)) = config.choose(alloc, task, number)? else {
-        unreachable!()
-    };
-    let next = config.after(alloc, task, position, &change)?;
-    let walk = walk.take(alloc, task, position, change)?;
-    Ok((walk, next))
-}
-
-/// The walk at the start with an instance of the initial network.
-fn start_walk(alloc: Global, task: &Task, initial: &Instance) -> Result<Walk, AllocError>
-    requires { Contains (initials task.now) initial.now }
-    ensures { IfOk result (IsStart (problem_of task.now) initial.now.network) }
-{
-    Ok(Walk {
-        config: Front::start(alloc, task, initial)?,
-        places: child_places(alloc, Vec::new(alloc), initial.children().len())?,
-        trail: Vec::new(alloc),
-        visits: Vec::new(alloc),
-    })
-}
-
-/// The walk along all numbers of a finishing word, from an initial network on: it has recorded the
-/// word's solution.
-pub(crate) fn walk_along(
-    alloc: Global,
-    task: &Task,
-    initial: &Instance,
-    numbers: &[u64],
+    rank: u64,
 ) -> Result<Walk, AllocError>
-    requires initial { Contains (initials task.now) initial.now }
-    requires finishes { FinishesFrom (problem_of task.now) numbers.now (start (problem_of task.now) initial.now.network) }
-    ensures within { IfOk result (λ walk. AreWithin walk.trail.items 0) }
-    ensures solved { IfOk result (λ walk. (number : ℕ) → slice_get (problem_of task.now).initials number ≡ Some initial.now.network
-        → IsSolutionOf (problem_of task.now) (number ∷ numbers.now) (recorded task.now number walk)) }
+    requires own { AreTables task.now tables.now }
+    requires chosen { IsSome (choose_listed task.now walk.config rank) }
+    requires placed { length walk.places.items ≡ length walk.config.open_nodes }
+    ensures { IfOk result (IsOneOn task.now (number_of task.now walk.config rank) walk) }
 {
-    let _typed = task.objects();
-    let mut walk = start_walk(alloc, task, initial)?;
-    let mut config = Config::start(alloc, task, initial)?;
-    for number in numbers {
-        (walk, config) = follow(alloc, task, walk, &config, *number)?;
-    }
-    Ok(walk)
+    let (position, change) = choose_by_rank(alloc, task, tables, &walk.config, rank)?;
+    walk.take(alloc, task, position, change)
 }
 
 /// The walk along all ranks of a word that a search with these tables found, from an initial network on: it has
@@ -221,7 +53,7 @@ pub(crate) fn walk_listed(
     let _typed = task.objects();
     let mut walk = start_walk(alloc, task, initial)?;
     for rank in ranks {
-        walk = walk.follow_listed(alloc, task, tables, *rank)?;
+        walk = follow_listed(alloc, task, tables, walk, *rank)?;
     }
     Ok(walk)
 }

@@ -8,7 +8,7 @@ use Rattle.htn_model.specs.Instance.{Instance}
 use Rattle.htn_model.specs.Problem.{Child, GroundTask, precondition, task}
 use Rattle.htn_model.specs.Task.{Task}
 use Rattle.htn_ground.specs.Distinct.{distinct, live_methods}
-use Rattle.htn_net.proofs.Words.{slice_get-map_back}
+use Rattle.htn_walk.proofs.Words.{slice_get-map_back}
 use Rattle.network_table.specs.Children.{IsNumber}
 use Rattle.network_table.specs.Networks.{children, IsWhole}
 use Rattle.network_table.specs.Numbered.{Numbered, network_of}

@@ -15,8 +15,8 @@ use Rattle.htn_model.specs.Problem.{Child, GroundTask, Network, task}
 use Rattle.htn_model.specs.State.{State, atoms_of, contains}
 use Rattle.htn_model.specs.Task.{Task}
 use Rattle.htn_ground.specs.Distinct.{distinct, live_methods}
-use Rattle.htn_net.specs.Listed.{listed_methods}
-use Rattle.htn_net.proofs.Listed.{listed_instances}
+use Rattle.htn_walk.specs.Listed.{listed_methods}
+use Rattle.htn_walk.proofs.Listed.{listed_instances}
 use Rattle.state_table.specs.Compiled.{AreCompiled, IsCompiled}
 use Rattle.state_table.specs.Numberings.{IsNumbering}
 use Rattle.state_table.specs.Table.{Table, IsLater, IsSetOf, is_fluent_by, is_changed}

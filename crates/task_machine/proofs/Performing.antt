@@ -10,7 +10,7 @@ use Rattle.htn_model.specs.Machine.{Config}
 use Rattle.htn_model.specs.Problem.{Child, GroundTask, precondition, action, perform, perform_action}
 use Rattle.htn_model.specs.State.{State}
 use Rattle.htn_model.specs.Task.{Task}
-use Rattle.htn_net.specs.Listed.{listing_machine}
+use Rattle.htn_walk.specs.Listed.{listing_machine}
 use Rattle.network_table.specs.Networks.{children, expansion_at, network_at}
 use Rattle.network_table.specs.Numbered.{config_at}
 use Rattle.network_table.specs.declared.expansion.Expansion.{Expansion}

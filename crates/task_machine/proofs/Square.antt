@@ -8,9 +8,9 @@ use Rattle.htn_model.specs.Instances.{methods_of}
 use Rattle.htn_model.specs.Task.{Task, IsWellTyped}
 use Rattle.htn_model.proofs.Grounded.{tasks_are_grounded}
 use Rattle.htn_ground.specs.Distinct.{distinct, live_methods}
-use Rattle.htn_net.proofs.Words.{slice_get-map_back}
-use Rattle.htn_net.specs.Listed.{listed_methods}
-use Rattle.htn_net.proofs.Listed.{listed_instances, listed_method}
+use Rattle.htn_walk.proofs.Words.{slice_get-map_back}
+use Rattle.htn_walk.specs.Listed.{listed_methods}
+use Rattle.htn_walk.proofs.Listed.{listed_instances, listed_method}
 
 -- those of a compound task
 pub methods_square : (t : Task) → IsWellTyped t → (g : GroundTask) → All (λ (i : Instance). length i.network.order ≡ length i.network.children) (distinct (live_methods t g))

@@ -8,8 +8,8 @@ use Rattle.htn_model.specs.Machine.{Config, Choice, choose, choose_from, no_netw
 use Rattle.htn_model.specs.Problem.{Child, GroundTask, Network, perform, task}
 use Rattle.htn_model.specs.State.{State}
 use Rattle.htn_model.specs.Task.{Task}
-use Rattle.htn_net.specs.Listed.{listed_methods, listing_machine}
-use Rattle.htn_net.proofs.Listed.{at_task, free_listed, instance_listed}
+use Rattle.htn_walk.specs.Listed.{listed_methods, listing_machine}
+use Rattle.htn_walk.proofs.Listed.{at_task, free_listed, instance_listed}
 use Rattle.network_table.specs.Expansions.{IsExpansion, first_free, free_positions, position_network, removal_network}
 use Rattle.network_table.specs.Networks.{network_at}
 use Rattle.network_table.specs.Numbered.{config_at, replaced_network}

@@ -5,7 +5,7 @@ use Rattle.htn_model.specs.Grounding.{problem_of}
 use Rattle.htn_model.specs.Levels.{is_done}
 use Rattle.htn_model.specs.Machine.{Config}
 use Rattle.htn_model.specs.Task.{Task}
-use Rattle.htn_net.specs.Listed.{listing_machine}
+use Rattle.htn_walk.specs.Listed.{listing_machine}
 use Rattle.heuristics.specs.declared.prospects.Prospects.{Prospects}
 use Rattle.network_table.specs.Networks.{expansion_at}
 use Rattle.network_table.specs.declared.expansion.Expansion.{Expansion}

@@ -11,11 +11,11 @@ use Rattle.htn_model.specs.Grounding.{problem_of}
 use Rattle.htn_model.specs.Machine.{Choice, Config, result_of}
 use Rattle.htn_model.specs.Problem.{Child, IsGrounded, Problem}
 use Rattle.htn_model.specs.Task.{Task}
-use Rattle.htn_net.specs.Machine.{IsOwn}
-use Rattle.htn_net.proofs.Words.{done_from}
-use Rattle.htn_net.specs.Laws.{listing_lawful}
-use Rattle.htn_net.specs.Listed.{choose_listed, listing_machine}
-use Rattle.htn_net.proofs.Listed.{numbered}
+use Rattle.htn_walk.specs.Machine.{IsOwn}
+use Rattle.htn_walk.proofs.Words.{done_from}
+use Rattle.htn_walk.specs.Laws.{listing_lawful}
+use Rattle.htn_walk.specs.Listed.{choose_listed, listing_machine}
+use Rattle.htn_walk.proofs.Listed.{numbered}
 use Rattle.word_machine.specs.Answer.{IsBeyond, measure_of}
 use Rattle.word_machine.specs.declared.measure.Horizon.{Horizon}
 use Rattle.word_machine.specs.declared.measure.Measure.{Measure}

@@ -1,6 +1,6 @@
 -- The configuration that is expanded, and what taking its numbers one after another makes of a list.
 use Rattle.std.specs.Prelude.{◌≡◌, ℕ, ◌+◌, Bool, true, false, [], List, get_or, Option, IfNone, IfSome, IsSome}
-use Rattle.htn_net.specs.Listed.{listing_machine}
+use Rattle.htn_walk.specs.Listed.{listing_machine}
 use Rattle.htn_model.specs.Machine.{Config}
 use Rattle.htn_model.specs.Task.{Task}
 use Rattle.network_table.specs.Expansions.{IsKnownRemoval}

@@ -6,7 +6,7 @@ use Rattle.htn_model.specs.Machine.{Config}
 use Rattle.htn_model.specs.Problem.{perform}
 use Rattle.htn_model.specs.State.{State}
 use Rattle.htn_model.specs.Task.{Task}
-use Rattle.htn_net.specs.Listed.{listed_methods}
+use Rattle.htn_walk.specs.Listed.{listed_methods}
 use Rattle.network_table.specs.Expansions.{Live}
 use Rattle.network_table.specs.Networks.{children, network_at}
 use Rattle.network_table.specs.Numbered.{config_at}

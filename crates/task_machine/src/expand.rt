@@ -2,7 +2,7 @@
 ghost use Rattle.std.specs.Prelude.{true, false, ◌≡◌, ◌<◌, ◌++◌, ℕ, List, Some, length, option_map, slice_get, IfOk, IfSome, IfNone, IsSome, OnErr};
 ghost use Rattle.htn_model.specs.Literal.{Action as ModelAction};
 ghost use Rattle.htn_model.specs.Problem.{perform_action};
-ghost use Rattle.htn_net.specs.Listed.{listing_machine};
+ghost use Rattle.htn_walk.specs.Listed.{listing_machine};
 ghost use Rattle.network_table.specs.declared.expansion.Removal.{Removal as Removals};
 ghost use Rattle.network_table.specs.Networks.{expansion_at, Knows};
 ghost use Rattle.state_table.specs.Compiled.{IsCompiled};

@@ -2,8 +2,8 @@
 ghost use Rattle.std.specs.Prelude.{◌≡◌, IfOk};
 ghost use Rattle.htn_model.specs.Grounding.{problem_of};
 ghost use Rattle.htn_model.specs.Problem.{IsGrounded};
-ghost use Rattle.htn_net.specs.Grounded.{grounded-prop};
-ghost use Rattle.htn_net.specs.Listed.{listing_machine};
+ghost use Rattle.htn_walk.specs.Grounded.{grounded-prop};
+ghost use Rattle.htn_walk.specs.Listed.{listing_machine};
 ghost use Rattle.heuristics.specs.Prospects.{ProspectsHold};
 ghost use Rattle.task_machine.specs.Bounds.{measure-prop, most_steps, prospects-prop};
 ghost use Rattle.task_graph.specs.Graph.{IsGraph};
@@ -77,7 +77,7 @@ impl<'a> Machine for TaskMachine<'a> {
     ghost use Rattle.std.proofs.Common.{rules};
     ghost use Rattle.htn_model.specs.Grounding.{problem_of};
     ghost use Rattle.htn_model.specs.Machine.{Config};
-    ghost use Rattle.htn_net.specs.Listed.{listing_machine};
+    ghost use Rattle.htn_walk.specs.Listed.{listing_machine};
     ghost use Rattle.network_table.specs.Networks.{expansion_at};
     ghost use Rattle.heuristics.specs.Prospects.{prospects_bound};
     ghost use Rattle.task_machine.specs.Bounds.{BelongsTo, bounded, belonging_lawful, most_steps};

@@ -7,7 +7,7 @@ ghost use Rattle.heuristics.specs.ListedNeeds.{AreNoted};
 ghost use Rattle.heuristics.specs.Prospects.{outlook_by};
 ghost use Rattle.network_table.specs.Expansions.{first_free};
 ghost use Rattle.network_table.specs.Networks.{children, expansion_at, IsWhole, Knows, network_at};
-ghost use Rattle.htn_net.specs.Listed.{listing_machine};
+ghost use Rattle.htn_walk.specs.Listed.{listing_machine};
 ghost use Rattle.heuristics.specs.declared.tree_sizes.TreeSizes.{TreeSizes};
 ghost use Rattle.task_machine.specs.Owned.{AreOwned, HasSizes};
 ghost use Rattle.task_machine.specs.Meaning.{knows, point};

@@ -1,6 +1,6 @@
 use Rattle.std.proofs.Common.{◌≡◌, ◌∙◌, ap, map, rules}
 use Rattle.std.proofs.lemmas.Simd.{map-map}
-use Rattle.htn_net.specs.declared.choice.Change.TheVariants.{Performed}
+use Rattle.htn_walk.specs.declared.change.Change.TheVariants.{Performed}
 use Rattle.htn_net.specs.declared.choice.Choice.{Choice}
 use Rattle.htn_net.specs.declared.choice.Performance.{Performance}
 use Rattle.htn_net.proofs.choices.performed_choices.Goals as goal

@@ -7,7 +7,7 @@ use Rattle.htn_model.specs.Problem.{perform}
 use Rattle.htn_model.specs.State.{State}
 use Rattle.htn_net.specs.Choices.{IsPerformance}
 use Rattle.htn_net.specs.declared.choice.Performance.{Performance}
-use Rattle.htn_net.proofs.Numbers.{all_seen, free_seen, free_within, is_live_at, none_dead, picks, picks_live, skips}
+use Rattle.htn_walk.proofs.Numbers.{all_seen, free_seen, free_within, is_live_at, none_dead, picks, picks_live, skips}
 use Rattle.htn_net.proofs.Performed.{AreCollected, collect_more, collect_none}
 use Rattle.htn_net.proofs.perform.performances.Goals as goal
 use Rattle.htn_net.proofs.perform.performances.Goals.{in-Some+in_ok-push, in_default}

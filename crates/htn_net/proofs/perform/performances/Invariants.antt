@@ -1,7 +1,7 @@
 use Rattle.htn_model.specs.Grounding.{problem_of}
 use Rattle.htn_net.specs.Choices.{IsPerformance}
 use Rattle.htn_net.specs.declared.choice.Performance.{Performance}
-use Rattle.htn_net.proofs.Numbers.{is_live_at}
+use Rattle.htn_walk.proofs.Numbers.{is_live_at}
 use Rattle.htn_net.proofs.Performed.{AreCollected}
 use Rattle.htn_net.proofs.perform.performances.Given as goal
 

@@ -4,10 +4,10 @@ use Rattle.std.proofs.lemmas.Result.{IfOk-weaker}
 use Rattle.htn_model.specs.Choice.{first_free_compound}
 use Rattle.htn_model.specs.Instance.{Instance}
 use Rattle.htn_model.specs.Problem.{is_before}
-use Rattle.htn_net.specs.Listed.{number_at, number_by}
-use Rattle.htn_net.proofs.Listed.{free_listed, listed_method, number_listed}
-use Rattle.htn_net.proofs.Numbers.{choose_instance}
-use Rattle.htn_search.proofs.Free.{picked, rank_listed}
+use Rattle.htn_walk.specs.Listed.{number_at, number_by}
+use Rattle.htn_walk.proofs.Listed.{free_listed, listed_method, number_listed}
+use Rattle.htn_walk.proofs.Numbers.{choose_instance}
+use Rattle.htn_walk.proofs.Free.{picked, rank_listed}
 use Rattle.htn_search.proofs.chosen.choose_by_rank.Goals as goal
 
 pub choose_free-requires-clause-none : goal.choose_free-requires-clause-none

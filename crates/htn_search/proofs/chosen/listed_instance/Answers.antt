@@ -1,6 +1,6 @@
 use Rattle.std.proofs.Common.{◌<◌, ◌∙◌, Some, slice_get, length, sym, ap, subst}
 use Rattle.std.proofs.lemmas.Option.{MatchOption-at_some, slice_get-get_or}
-use Rattle.htn_search.proofs.Free.{some_within}
+use Rattle.htn_walk.proofs.Free.{some_within}
 use Rattle.htn_search.proofs.chosen.listed_instance.Goals as goal
 
 pub swap_remove-requires : goal.swap_remove-requires

@@ -6,11 +6,11 @@ use Rattle.htn_model.specs.Instances.{initials}
 use Rattle.htn_model.specs.Machine.{start}
 use Rattle.htn_model.specs.Tree.{nodes_of}
 use Rattle.htn_ground.specs.Trees.{number_of, solution_of}
-use Rattle.htn_net.specs.Listed.{listing_machine}
-use Rattle.htn_search.specs.Rebuilt.{IsSolutionOf}
-use Rattle.htn_search.specs.Told.{told, told_word}
-use Rattle.htn_search.proofs.Closing.{initial_number_is}
-use Rattle.htn_search.proofs.Told.{begun_at, rank_within}
+use Rattle.htn_walk.specs.Listed.{listing_machine}
+use Rattle.htn_walk.specs.Rebuilt.{IsSolutionOf}
+use Rattle.htn_walk.specs.Told.{told, told_word}
+use Rattle.htn_walk.proofs.Closing.{initial_number_is}
+use Rattle.htn_walk.proofs.Told.{begun_at, rank_within}
 use Rattle.word_machine.specs.Machine.{IsFinishing}
 use Rattle.htn_search.proofs.solution.rebuild_listed.Goals as goal
 

@@ -4,13 +4,13 @@ use Rattle.htn_model.specs.Grounding.{problem_of}
 use Rattle.htn_model.proofs.Grounded.{tasks_are_grounded}
 use Rattle.word_machine.specs.Answer.{IsAnswer, IsLeastFinishing}
 use Rattle.word_machine.specs.Machine.{IsFinishing}
-use Rattle.htn_net.specs.Listed.{listing_machine}
-use Rattle.htn_search.specs.Rebuilt.{IsSolutionOf}
-use Rattle.htn_search.specs.Told.{told_word}
+use Rattle.htn_walk.specs.Listed.{listing_machine}
+use Rattle.htn_walk.specs.Rebuilt.{IsSolutionOf}
+use Rattle.htn_walk.specs.Told.{told_word}
 use Rattle.word_machine.specs.declared.found.Found.TheVariants.{None, Unsolvable}
-use Rattle.htn_net.proofs.Answers.{answered}
+use Rattle.htn_walk.proofs.Answers.{answered}
 use Rattle.htn_search.proofs.Answering.{plan_answers, none_answers, unsolvable_answers}
-use Rattle.htn_search.proofs.Told.{told_answer, told_solution}
+use Rattle.htn_walk.proofs.Told.{told_answer, told_solution}
 use Rattle.htn_search.proofs.solve.answer_from.Goals as goal
 
 pub returns-in_ok-rebuild_listed-in-Word : goal.returns-in_ok-rebuild_listed-in-Word

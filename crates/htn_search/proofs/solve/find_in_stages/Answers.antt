@@ -1,7 +1,7 @@
 use Rattle.std.proofs.Common.{◌∙◌, subst, sym}
 use Rattle.std.proofs.lemmas.Option.{MatchOption-at_some}
 use Rattle.word_machine.specs.Answer.{IsEnding}
-use Rattle.htn_net.specs.Listed.{listing_machine}
+use Rattle.htn_walk.specs.Listed.{listing_machine}
 use Rattle.htn_search.proofs.solve.find_in_stages.Goals as goal
 
 pub loop-stage-preserved : goal.loop-stage-preserved

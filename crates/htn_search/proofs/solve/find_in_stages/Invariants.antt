@@ -1,5 +1,5 @@
 use Rattle.word_machine.specs.Answer.{NoneFinishesBefore}
-use Rattle.htn_net.specs.Listed.{listing_machine}
+use Rattle.htn_walk.specs.Listed.{listing_machine}
 use Rattle.htn_search.proofs.solve.find_in_stages.Given as goal
 
 -- no word finishes in fewer steps than are known

@@ -1,13 +1,13 @@
 use Rattle.std.proofs.Common.{◌≡◌, sym, subst}
-use Rattle.htn_net.proofs.Answers.{answered, exact}
+use Rattle.htn_walk.proofs.Answers.{answered, exact}
 use Rattle.htn_model.specs.Grounding.{problem_of}
 use Rattle.htn_model.proofs.Grounded.{tasks_are_grounded}
 use Rattle.word_machine.specs.Answer.{IsAnswer, IsEnding, IsLeastFinishing}
 use Rattle.word_machine.specs.Machine.{IsFinishing}
 use Rattle.word_machine.specs.declared.found.Found.TheVariants.{Word, None, Unsolvable}
-use Rattle.htn_net.specs.Listed.{listing_machine}
-use Rattle.htn_search.specs.Told.{told_word}
-use Rattle.htn_search.proofs.Told.{told_answer}
+use Rattle.htn_walk.specs.Listed.{listing_machine}
+use Rattle.htn_walk.specs.Told.{told_word}
+use Rattle.htn_walk.proofs.Told.{told_answer}
 use Rattle.htn_search.proofs.solve.find_word.Goals as goal
 
 pub returns-in_ok-word_of_ranks-in-Word-clause-answered : goal.returns-in_ok-word_of_ranks-in-Word-clause-answered

@@ -1,8 +1,8 @@
 use Rattle.std.proofs.Common.{subst}
 use Rattle.htn_model.proofs.Grounded.{tasks_are_grounded}
 use Rattle.word_machine.specs.Answer.{IsEnding}
-use Rattle.htn_net.specs.Listed.{listing_machine}
-use Rattle.htn_search.proofs.Told.{none_known}
+use Rattle.htn_walk.specs.Listed.{listing_machine}
+use Rattle.htn_walk.proofs.Told.{none_known}
 use Rattle.htn_search.proofs.solve.known_from.Goals as goal
 
 pub answer_from-requires-clause-found : goal.answer_from-requires-clause-found

@@ -3,7 +3,7 @@ use Rattle.std.specs.Prelude.{IfOk}
 use Rattle.std.proofs.lemmas.Result.{IfOk-weaker}
 use Rattle.word_machine.specs.Answer.{IsEnding, NoneFinishesBefore}
 use Rattle.word_machine.specs.declared.found.Ending.TheVariants.{GivenUp}
-use Rattle.htn_net.specs.Listed.{listing_machine}
+use Rattle.htn_walk.specs.Listed.{listing_machine}
 use Rattle.task_machine.specs.Tables.{AreTables}
 use Rattle.htn_search.proofs.solve.search_stage.Goals as goal
 

@@ -2,7 +2,7 @@ use Rattle.std.proofs.Common.{◌≡◌}
 use Rattle.std.proofs.lemmas.Result.{err_from_is_err_and}
 use Rattle.htn_model.proofs.Grounded.{tasks_are_grounded}
 use Rattle.word_machine.specs.declared.found.SearchFault.TheVariants.{NoThread, OutOfMemory}
-use Rattle.htn_search.proofs.Told.{none_below}
+use Rattle.htn_search.proofs.Answering.{none_below}
 use Rattle.htn_search.proofs.solve.search_watched.Goals as goal
 
 -- want of memory is not want of a thread

@@ -2,7 +2,7 @@ use denote.Param.Send.{arg_sync, param_sync, recorded_sync, shr_sync, struct_syn
 use Rattle.std.proofs.Common.{◌≡◌, ◌∙◌, sym, subst}
 use Rattle.std.proofs.lemmas.Result.{err_from_is_err_and}
 use Rattle.word_machine.specs.Answer.{IsEnding}
-use Rattle.htn_net.specs.Listed.{listing_machine}
+use Rattle.htn_walk.specs.Listed.{listing_machine}
 use Rattle.htn_search.proofs.Shared.{beside, both, task_sync}
 use Rattle.htn_search.proofs.solve.search_with_watch.Goals as goal
 

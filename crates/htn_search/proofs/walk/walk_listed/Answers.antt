@@ -3,14 +3,14 @@ use Rattle.std.proofs.lemmas.List.{drop_more, drop_all}
 use Rattle.htn_model.specs.Grounding.{problem_of}
 use Rattle.htn_model.specs.Machine.{FinishesFrom, start}
 use Rattle.htn_model.proofs.Grounded.{tasks_are_grounded}
-use Rattle.htn_net.specs.Listed.{number_of}
+use Rattle.htn_walk.specs.Listed.{number_of}
 use Rattle.htn_ground.specs.Trees as trees
-use Rattle.htn_search.specs.Places.{open_places, places_view}
-use Rattle.htn_search.specs.Told.{FinishesListed, told}
-use Rattle.htn_search.specs.Walk.{recorded}
-use Rattle.htn_search.proofs.Told.{finishes_told, next_chooses, one_told}
-use Rattle.htn_search.proofs.Way.{IsUnderWay, way_begins, walk_on}
-use Rattle.htn_search.proofs.Solved.{solved}
+use Rattle.htn_walk.specs.Places.{open_places, places_view}
+use Rattle.htn_walk.specs.Told.{FinishesListed, told}
+use Rattle.htn_walk.specs.Walk.{recorded}
+use Rattle.htn_walk.proofs.Told.{finishes_told, next_chooses, one_told}
+use Rattle.htn_walk.proofs.Way.{IsUnderWay, way_begins, walk_on}
+use Rattle.htn_walk.proofs.Solved.{solved}
 use Rattle.htn_search.proofs.walk.walk_listed.Goals as goal
 
 pub loop-rank-init : goal.loop-rank-init

@@ -1,9 +1,9 @@
 use Rattle.std.proofs.Common.{drop}
 use Rattle.htn_model.specs.Grounding.{problem_of}
 use Rattle.htn_ground.specs.Trees.{number_of}
-use Rattle.htn_search.specs.Places.{open_places, places_view}
-use Rattle.htn_search.specs.Told.{FinishesListed, told}
-use Rattle.htn_search.proofs.Way.{IsUnderWay}
+use Rattle.htn_walk.specs.Places.{open_places, places_view}
+use Rattle.htn_walk.specs.Told.{FinishesListed, told}
+use Rattle.htn_walk.proofs.Way.{IsUnderWay}
 use Rattle.htn_search.proofs.walk.walk_listed.Given as goal
 
 -- the walk has come to the ranks that are left

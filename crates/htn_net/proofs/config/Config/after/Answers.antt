@@ -1,9 +1,9 @@
 use Rattle.std.proofs.Common.{◌≡◌, length, subst}
 use Rattle.htn_model.specs.Grounding.{problem_of}
 use Rattle.htn_model.proofs.Grounded.{tasks_are_grounded}
-use Rattle.htn_net.specs.Choices.{chosen_of, network_of}
-use Rattle.htn_net.specs.declared.choice.Change.{Change}
-use Rattle.htn_net.proofs.Chosen.{chosen_within, chosen_whole}
+use Rattle.htn_walk.specs.Choices.{chosen_of, network_of}
+use Rattle.htn_walk.specs.declared.change.Change.{Change}
+use Rattle.htn_walk.proofs.Chosen.{chosen_within, chosen_whole}
 use Rattle.htn_net.proofs.config.Config.after.Goals as goal
 
 pub decomposed-requires-clause-placed : goal.decomposed-requires-clause-placed

@@ -10,9 +10,9 @@ use Rattle.htn_model.specs.Machine.{choose}
 use Rattle.htn_model.specs.Problem.{GroundTask, is_before}
 use Rattle.htn_model.specs.Task.{Task}
 use Rattle.htn_ground.specs.Distinct.{distinct, live_methods}
-use Rattle.htn_net.proofs.Words.{slice_get-map_back}
-use Rattle.htn_net.specs.Listed.{listed_methods, number_at, number_by}
-use Rattle.htn_net.proofs.Listed.{at_task, instance_listed, listed_instances, listed_method, number_listed}
+use Rattle.htn_walk.proofs.Words.{slice_get-map_back}
+use Rattle.htn_walk.specs.Listed.{listed_methods, number_at, number_by}
+use Rattle.htn_walk.proofs.Listed.{at_task, instance_listed, listed_instances, listed_method, number_listed}
 use Rattle.htn_net.proofs.config.Config.choose_listed.Goals as goal
 
 -- the instance of a rank is listed with its number

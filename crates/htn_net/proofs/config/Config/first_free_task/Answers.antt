@@ -4,7 +4,7 @@ use Rattle.htn_model.specs.Choice.{child_of}
 use Rattle.htn_model.specs.Machine.{Config}
 use Rattle.htn_order.specs.Free.{IsFirstFree, HasNoneFree}
 use Rattle.htn_ground.specs.Views.{child_view}
-use Rattle.htn_net.proofs.First.{first_task, no_task, child_seen}
+use Rattle.htn_walk.proofs.First.{first_task, no_task, child_seen}
 use Rattle.htn_net.proofs.config.Config.first_free_task.Goals as goal
 
 pub returns-in-Task-clause-position : goal.returns-in-Task-clause-position

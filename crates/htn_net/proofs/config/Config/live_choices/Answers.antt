@@ -4,7 +4,7 @@ use Rattle.htn_model.specs.Grounding.{problem_of}
 use Rattle.htn_model.specs.Instance.{Instance}
 use Rattle.htn_net.specs.Choices.{IsChoice, decomposed_choices}
 use Rattle.htn_net.specs.declared.choice.Choice.{Choice}
-use Rattle.htn_net.proofs.Numbers.{instance_numbers}
+use Rattle.htn_walk.proofs.Numbers.{instance_numbers}
 use Rattle.htn_net.proofs.Offered.{live_instances_chosen, numbers_of}
 use Rattle.htn_net.proofs.config.Config.live_choices.Goals as goal
 

@@ -1,6 +1,6 @@
 use Rattle.std.proofs.Common.{◌∙◌, ap, sym}
 use Rattle.htn_model.specs.Machine.{Config}
-use Rattle.htn_net.proofs.First.{child_seen}
+use Rattle.htn_walk.proofs.First.{child_seen}
 use Rattle.htn_net.proofs.config.Config.node_at.Goals as goal
 
 pub returns : goal.returns

@@ -1,4 +1,4 @@
-use Rattle.htn_net.proofs.Whole.{initial_whole}
+use Rattle.htn_walk.proofs.Whole.{initial_whole}
 use Rattle.htn_net.proofs.config.Config.start.Goals as goal
 
 pub of-requires : goal.of-requires

@@ -1,5 +1,5 @@
 use Rattle.std.proofs.Common.{◌∙◌, ap, sym}
-use Rattle.htn_net.specs.Listed.{listing_machine}
+use Rattle.htn_walk.specs.Listed.{listing_machine}
 use Rattle.heuristics.specs.Sizes.{size_of}
 use Rattle.word_machine.specs.declared.measure.Measure.{Measure}
 use Rattle.task_machine.specs.Bounds.{left_by, own_bound}

@@ -7,8 +7,8 @@ use Rattle.htn_model.specs.Machine.{Config, start}
 use Rattle.htn_model.specs.Task.{Task}
 use Rattle.htn_model.proofs.Grounded.{tasks_are_grounded}
 use Rattle.htn_ground.specs.Distinct.{distinct}
-use Rattle.htn_net.specs.Listed.{listed_initials, listing_machine}
-use Rattle.htn_net.proofs.Listed.{distinct_initials}
+use Rattle.htn_walk.specs.Listed.{listed_initials, listing_machine}
+use Rattle.htn_walk.proofs.Listed.{distinct_initials}
 use Rattle.heuristics.specs.Prospects.{AreProspects}
 use Rattle.heuristics.proofs.ProspectsEnding.{prospects_hold}
 use Rattle.heuristics.specs.Sizes.{size_of}

@@ -1,6 +1,6 @@
 use Rattle.std.proofs.Common.{◌∙◌, ap, sym}
 use Rattle.htn_model.specs.Grounding.{problem_of}
-use Rattle.htn_net.specs.Listed.{listing_machine}
+use Rattle.htn_walk.specs.Listed.{listing_machine}
 use Rattle.heuristics.specs.Prospects.{outlook_by}
 use Rattle.heuristics.specs.Sizes.{size_of}
 use Rattle.task_machine.specs.Bounds.{bound_by, own_bound}

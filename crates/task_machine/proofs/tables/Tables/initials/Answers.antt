@@ -5,9 +5,9 @@ use Rattle.htn_model.specs.Instance.{Instance}
 use Rattle.htn_model.specs.Machine.{Config}
 use Rattle.htn_model.specs.Problem.{Network}
 use Rattle.htn_model.specs.State.{State}
-use Rattle.htn_net.specs.Listed.{listed_initials}
-use Rattle.htn_net.proofs.Listed.{distinct_initials}
-use Rattle.htn_net.proofs.Whole.{listed_whole}
+use Rattle.htn_walk.specs.Listed.{listed_initials}
+use Rattle.htn_walk.proofs.Listed.{distinct_initials}
+use Rattle.htn_walk.proofs.Whole.{listed_whole}
 use Rattle.network_table.specs.Networks.{network_at}
 use Rattle.network_table.specs.Numbered.{config_at}
 use Rattle.network_table.proofs.Expanding.{map_all}

@@ -1,5 +1,0 @@
-use Rattle.htn_net.proofs.Lawful.{lawful}
-use Rattle.htn_net.proofs.answer.machine_is_lawful.Goals as goal
-
-pub returns : goal.returns
-returns c = record { lawful = lawful }

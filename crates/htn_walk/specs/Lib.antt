@@ -1,0 +1,13 @@
+pub mod Machine
+pub mod Answered
+pub mod Fewer
+pub mod Choices
+pub mod Grounded
+pub mod Laws
+pub mod Listed
+pub mod Live
+pub mod Trail
+pub mod Places
+pub mod Rebuilt
+pub mod Walk
+pub mod Told
