@@ -3,14 +3,14 @@
 # A test that meets its refusal must end in want of memory or of a thread, and no other answer may change. What only the
 # program calls is refused memory by .ci/refusals, and by hand in the rows `again` and `verdict` of crates/acceptance.
 #
-# sh bench/refusals.sh [CRATE..] takes the crates with such tests, or those named, and N from 1 to 50 and then twice as
-# much each time, until all tests of a crate pass, since none allocates so often, or N passes 65,536. NUMBERS="1 8 64"
-# takes these numbers alone. Nothing is proved. It prints a line for each crate and N: how many tests passed, and how
+# sh bench/refusals.sh [CRATE..] takes the crate `tests`, or those named, and N from 1 to 50 and then twice as much each
+# time, until all tests of a crate pass, since none allocates so often, or N passes 65,536. NUMBERS="1 8 64" takes these
+# numbers alone. Nothing is proved. It prints a line for each crate and N: how many tests passed, and how
 # many ended in a want. Each other test that failed is printed with what it said: its words don't tell of a want.
 set -eu
 root=$(cd "$(dirname "$0")/.." && pwd)
 if [ "$#" -eq 0 ]; then
-    set -- text_tests search_tests task_tests
+    set -- tests
 fi
 numbers=${NUMBERS:-$(seq 1 50) 64 128 256 512 1024 2048 4096 8192 16384 32768 65536}
 
