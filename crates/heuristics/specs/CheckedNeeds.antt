@@ -1,4 +1,4 @@
--- The conditions that are checked of rows.
+-- What is checked of the rows of needs.
 use Rattle.std.specs.Prelude.{◌≡◌, ℕ, ◌⊎◌, ⊤, true, false, All, Contains, Option, Some, slice_get}
 use Rattle.htn_model.specs.Atom.{Atom}
 use Rattle.htn_model.specs.Grounding.{problem_of}

@@ -1,4 +1,4 @@
--- What is checked of the sets.
+-- What is checked of the sets of a relaxed reach.
 use Rattle.std.specs.Prelude.{◌≡◌, ℕ, ◌<◌, true, false, ◌||◌, Some, slice_get}
 use Rattle.std.specs.List.{All, list_all, list_any}
 use Rattle.htn_model.specs.Grounding.{problem_of}

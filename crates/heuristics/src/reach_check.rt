@@ -1,4 +1,4 @@
-//! The checks that what was found is right.
+//! The checks that a relaxed reach is right.
 ghost use Rattle.std.specs.Prelude.{◌≡◌, true, false, Some, All, IfOk, IsTrue};
 ghost use Rattle.std.specs.Option.{option_map};
 ghost use Rattle.htn_model.specs.Instances.{initials};

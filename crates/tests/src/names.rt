@@ -1,4 +1,4 @@
-//! The numbers of names.
+//! The numbers of a task's names.
 
 use crate::pairs::{ROAD, task_of};
 use htn_task::Task;

@@ -1,4 +1,4 @@
-//! Tests of places.
+//! Places of a text as lines and columns.
 
 use diagnostics::{Lines, Position};
 use std::alloc::AllocError;
