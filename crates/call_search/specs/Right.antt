@@ -17,7 +17,7 @@ abbrev pub AreRight : Task → ℕ → Option (Vec ℕ Global) → Option Trial 
 AreRight t bound word trial =
     IfSome word (λ w. IsLeastFinishing (listing_machine t) bound w.items) × IfSome trial (λ x. AreNodes t x.nodes)
 
--- the sizes of the nodes are least ones, and what a search by calls has found is right
+-- the sizes of the nodes are lower bounds, and what a search by calls has found is right
 abbrev pub IsRight : Calls → Type 0
 IsRight c = IsLowerMeasure (problem_of c.task.now) (size_of c.sizes.now) × AreRight c.task.now c.bound c.word c.trial
 

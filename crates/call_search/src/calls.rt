@@ -11,9 +11,9 @@ ghost use Rattle.word_machine.specs.Answer.{IsLeastFinishing};
 use crate::ordered::are_ordered;
 use crate::trial::Trial;
 use call_finder::Progress;
+use heuristics::TreeSizes;
 use htn_task::Task;
 use std::alloc::{AllocError, Global};
-use heuristics::TreeSizes;
 
 /// How many configurations a search has at least when a search by calls in frames begins beside it.
 const FIRST: usize = 1_000;
@@ -25,8 +25,8 @@ const FIRST_WHOLE: usize = 10_000;
 /// storing one.
 const SHARE: u64 = 8;
 
-/// How many times as many, where calls have shown that no word is within the bound of the other search: then calls find
-/// out faster than that search, whose work within the bound is in vain.
+/// How many times as many items it may meet while calls have shown that no word is within the present bound of the
+/// other search: one for each configuration. The other search finds no word then before it raises its bound.
 const AHEAD: u64 = 8;
 
 /// How many configurations more a search stores until its calls in frames have a greater share: twice as much as at
@@ -40,8 +40,9 @@ const MOST_OFTEN: u64 = 4;
 /// cut off, most of them are instances of few tasks, and to list these for calls takes as long as the search.
 const WIDE: u64 = 2_048;
 
-/// A search by calls of the least finishing word of a task's ranks, beside another search of the same task. It does a
-/// small fraction of the work of that.
+/// A search by calls of the least finishing word of a task's ranks, beside another search of the same task. It meets
+/// one item for every [`SHARE`] configurations that the other stores, or more in a long search, and one for each while
+/// it has shown that no word is within the present bound of the other.
 pub struct Calls<'a> {
     alloc: Global,
     task: &'a Task,

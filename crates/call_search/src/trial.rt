@@ -11,9 +11,9 @@ ghost use Rattle.word_machine.specs.Words.{step_count};
 use call_finder::{Finder, Found, Progress};
 use call_nodes::CallNodes;
 use call_proof::{FramedProposal, Frames, Proposal, is_least};
+use heuristics::TreeSizes;
 use htn_task::Task;
 use std::alloc::{AllocError, Global};
-use heuristics::TreeSizes;
 
 /// A search for the least finishing word by calls, which is made in parts.
 #[derive(Drop)]
