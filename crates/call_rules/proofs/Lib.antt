@@ -15,3 +15,4 @@ pub mod FramedValues
 pub mod Lifted
 pub mod Rules
 pub mod FramedNumbers
+pub mod FrameExamples

@@ -14,3 +14,4 @@ pub mod FramedValues
 pub mod Lifted
 pub mod Rules
 pub mod FramedNumbers
+pub mod FrameExamples

@@ -7,6 +7,7 @@ ghost use Rattle.call_rules.specs.Framed.{FramedTablesStand};
 ghost use Rattle.call_rules.specs.Lifted.{LiftedBelow};
 ghost use Rattle.call_rules.specs.FramedValues.{FramedValuesBelow};
 ghost use Rattle.call_rules.specs.Rules.{RulesAreLocal};
+ghost use Rattle.call_rules.specs.FrameExamples.{CallsAreLiftedSo, CallsCloseSo, NodesHaveFramesSo, StatesArePartedSo, ValuesAreSo};
 ghost use Rattle.call_rules.specs.FramedNumbers.{FramedNumbersBound};
 ghost use Rattle.htn_calls.specs.Calls.{Rules, Table};
 ghost use Rattle.call_rules.specs.Frame.{Frame};
@@ -60,4 +61,14 @@ pub fn framed_numbers_bound()
         (frame : ℕ → Frame) (goal_frame : Frame) (numbers : Rules ℕ ℕ) (listing : Table ℕ ℕ) (sites : List (ℕ × ℕ))
         (total : List ℕ → ℕ) (cap : ℕ) (value : List ℕ → ℕ → ℕ)
         → FramedNumbersBound t passes size state node frame goal_frame numbers listing sites total cap value }
+{}
+
+/// A task that leads to an action in two steps, worked out in frames: what they part and lift, the calls and the
+/// values, and which of these do not pass.
+pub fn worked_frames_hold()
+    ensures states { StatesArePartedSo }
+    ensures nodes { NodesHaveFramesSo }
+    ensures calls { CallsAreLiftedSo }
+    ensures closed { CallsCloseSo }
+    ensures values { ValuesAreSo }
 {}

@@ -8,7 +8,7 @@ mod laws;
 
 pub use frames::{
     framed_numbers_bound, framed_values_below, frames_lift, lifted_below, nodes_are_local,
-    rules_are_local, states_have_parts,
+    rules_are_local, states_have_parts, worked_frames_hold,
 };
 pub use laws::{
     listing_steps, lone_rules_hold, measures_bound, numbers_bound, tables_bound, values_bound,
