@@ -19,3 +19,4 @@ pub mod Solved
 pub mod Stepped
 pub mod Told
 pub mod Way
+pub mod Laws

@@ -3,7 +3,6 @@ pub mod Answered
 pub mod Fewer
 pub mod Choices
 pub mod Grounded
-pub mod Laws
 pub mod Listed
 pub mod Live
 pub mod Trail

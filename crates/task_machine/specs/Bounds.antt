@@ -13,7 +13,7 @@ use Rattle.htn_model.specs.Problem.{Child, IsGrounded, Problem}
 use Rattle.htn_model.specs.Task.{Task}
 use Rattle.htn_walk.specs.Machine.{IsOwn}
 use Rattle.htn_walk.proofs.Words.{done_from}
-use Rattle.htn_walk.specs.Laws.{listing_lawful}
+use Rattle.htn_walk.proofs.Laws.{listing_lawful}
 use Rattle.htn_walk.specs.Listed.{choose_listed, listing_machine}
 use Rattle.htn_walk.proofs.Listed.{numbered}
 use Rattle.word_machine.specs.Answer.{IsBeyond, measure_of}
