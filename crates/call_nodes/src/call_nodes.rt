@@ -17,13 +17,13 @@ ghost use Rattle.heuristics.specs.Sizes.{size_of};
 use crate::list_table::ListTable;
 use crate::operator::{Operator, operator_of};
 use call_table::BlockLists;
+use heuristics::TreeSizes;
 use htn_ground::{Child, Instance, distinct_initials, distinct_live_methods_of, goal_literals};
 use htn_order::Order;
 use htn_task::Task;
 use indexmap::IndexSet;
 use state_table::{AtomTable, BitState, CompiledLiterals, StateTable, initial_state};
 use std::alloc::{AllocError, Global};
-use heuristics::TreeSizes;
 
 /// The states and the nodes of a task that were met, by number, with what each node does, and lists of nodes.
 pub struct CallNodes<'a> {
