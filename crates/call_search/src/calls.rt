@@ -18,6 +18,10 @@ use std::alloc::{AllocError, Global};
 /// How many configurations a search has at least when a search by calls in frames begins beside it.
 const FIRST: usize = 1_000;
 
+/// For how many configurations one node of the decomposition graph may be listed. Where a task has many instances, or
+/// many that are ruled out, to list it takes several times as long as to store a configuration.
+const LISTED: usize = 4;
+
 /// How many it has when one by calls on whole states begins. These rarely end before a long search does.
 const FIRST_WHOLE: usize = 10_000;
 
@@ -118,12 +122,17 @@ fn share_of(is_ahead: bool, in_frames: bool, configurations: usize) -> u64 {
 }
 
 /// How many configurations the other search has when a search by calls begins beside it. Calls in frames list all nodes
-/// first, so they wait for as many configurations. None begins if a network is not totally ordered.
+/// first, so they wait for [`LISTED`] times as many. None begins if a network is not totally ordered.
 fn first_of(task: &Task, sizes: &TreeSizes, in_frames: bool) -> usize {
     if !are_ordered(task) {
         usize::MAX
     } else if in_frames {
-        sizes.graph().nodes().len().max(FIRST)
+        sizes
+            .graph()
+            .nodes()
+            .len()
+            .saturating_mul(LISTED)
+            .max(FIRST)
     } else {
         FIRST_WHOLE
     }
